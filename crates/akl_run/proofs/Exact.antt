@@ -27,7 +27,7 @@ use Rattle.akl_run.specs.Loads.{IsLoadedFrom, IsLoadedProgram, ProgramStops, Que
 use Rattle.akl_run.specs.Commands.{Side, side, Command, HasFaulted, HasWorked, HasProgram, Asks, IsAskedBy, IsRead, IsGiven, Stops, by_words, by_reading, by_program, by_query, by_run, fault, IsFault, WordsEnd, ProgramEnds, QueryEnds, IsOutcome, IsComplete}
 use Rattle.akl_run.specs.Commands as commands
 use Rattle.akl_run.specs.Reports as reports
-use Rattle.akl_run.proofs.Texts.{clauses_one, query_one}
+use Rattle.akl_run.proofs.ReadTexts.{clauses_one, query_one}
 use Rattle.akl_run.proofs.Explained.{Ended, stopped, ran, status_runs, rose}
 
 -- ---- what was read is the front of what there was

@@ -8,7 +8,7 @@ pub mod Evaluated
 pub mod Explained
 pub mod Loading
 pub mod WholeShapes
-pub mod Texts
+pub mod ReadTexts
 pub mod Lifted
 pub mod Reading
 pub mod Exact

@@ -29,7 +29,7 @@ use Rattle.akl_lift.proofs.Operators.{IsMadeOf, operators_all}
 use Rattle.akl_lift.proofs.Asked.{LoadsOver, query_loads, query_made}
 use Rattle.box_tree.specs.Tables.{HasVariables}
 use Rattle.akl_run.specs.Loads.{first_asked, IsProgramText, IsQueryText}
-use Rattle.akl_run.proofs.Texts.{program_small, program_read, program_numbered, query_whole, query_numbered}
+use Rattle.akl_run.proofs.ReadTexts.{program_small, program_read, program_numbered, query_whole, query_numbered}
 
 -- ---- programs
 module _ (text : List ℕ) (cs : List Clause) (reads : IsProgramText text cs) where

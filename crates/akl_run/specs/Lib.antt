@@ -13,3 +13,4 @@ pub mod Outputs
 pub mod Written
 pub mod Steps
 pub mod Lines
+pub mod Replays

@@ -4,6 +4,7 @@ use Rattle.std.specs.List.{Contains}
 use Rattle.akl_terms.specs.declared.program.Definition.{Definition}
 use Rattle.akl_terms.specs.declared.program.Program.{Program}
 use Rattle.akl_lexemes.specs.declared.error.SyntaxError.{SyntaxError}
+use Rattle.akl_lexemes.specs.declared.error.SyntaxError.TheVariants.{TooLong}
 use Rattle.akl_syntax.specs.Clauses.{Clause, Query}
 use Rattle.akl_syntax.specs.Verdicts.{accepted, refused, ReadsProgram, ReadsQuery}
 use Rattle.variable_scopes.specs.Scoped.{AreScoped, IsScopedQuery}
@@ -63,6 +64,12 @@ pub record IsLoadedFrom (program query : List ℕ) (l : Loaded) : Type 0 where
   pub base : Program
   pub is_program : IsLoadedProgram program base
   pub is_query : IsLoadedQuery base query l
+
+-- why a query over a program isn't loaded, by their texts; want of memory is free
+pub data TextsStop (text query : List ℕ) : Status → Refusal → Type 0 where
+  by_length : 10000 < length query → TextsStop text query Status.Query (Refusal.TextOf (TooLong (length query)))
+  by_program : {s : Status} {f : Refusal} → ProgramStops text s f → TextsStop text query s f
+  by_query : {s : Status} {f : Refusal} {p : Program} → IsLoadedProgram text p → QueryStops p query s f → TextsStop text query s f
 
 -- a program over which a query can be loaded: no two of its definitions are called by the same, it leaves room, and a query's inline choices have numbers of their own
 pub record IsOpen (p : Program) : Type 0 where

@@ -1,5 +1,6 @@
 -- The steps of a command, of which the clauses of its functions speak.
 use Rattle.std.specs.Prelude.{◌≡◌, ◌≤◌, ℕ, List, [], option_map, Result, Ok, Err}
+use Rattle.akl_args.specs.declared.flag.Flags.{Flags}
 use Rattle.akl_run.specs.declared.report.Status.{Status}
 use Rattle.akl_run.specs.declared.report.Refusal.{Refusal}
 use Rattle.akl_run.specs.declared.report.Report.{Report}
@@ -8,7 +9,8 @@ use Rattle.akl_run.specs.declared.prepare.Prepared.{Prepared}
 use Rattle.akl_run.specs.declared.evaluate.Evaluated.{Evaluated}
 use Rattle.akl_run.specs.declared.output.Unwritten.{Unwritten}
 use Rattle.akl_run.specs.declared.stop.Stop.{Stop}
-use Rattle.akl_run.specs.Loads.{IsLoadedFrom}
+use Rattle.akl_run.specs.Loads.{IsLoadedFrom, TextsStop}
+use Rattle.akl_run.specs.Reports.{RunStops}
 use Rattle.box_tree.specs.Tables.{HasVariables}
 use Rattle.akl_run.specs.Evaluations.{IsEvaluated}
 use Rattle.akl_args.specs.Flags.{no_flags}
@@ -81,6 +83,18 @@ pub record IsAnsweredAlone (l : Loaded) (budget : ℕ) (before after : Side) (r 
   pub run : Evaluated
   pub evaluated : IsEvaluated l 1 budget no_flags run
   pub written : IsWritten run before after r
+
+-- so it was by so many workers, with flags
+pub record IsAnswered (l : Loaded) (workers budget : ℕ) (flags : Flags) (before after : Side) (r : Report) : Type 0 where
+  pub run : Evaluated
+  pub evaluated : IsEvaluated l workers budget flags run
+  pub written : IsWritten run before after r
+
+-- the report of a query over a program, by their texts: it wasn't loaded, or its run didn't end, and nothing was written; or it was run
+pub data IsReportOf (text query : List ℕ) (workers budget : ℕ) (flags : Flags) (before after : Side) (r : Report) : Type 0 where
+  unloaded : (stop : Stop) → TextsStop text query stop.status stop.refusal → IsStopped stop r → after ≡ before → IsReportOf text query workers budget flags before after r
+  unended : (stop : Stop) → RunStops stop.status stop.refusal → IsStopped stop r → after ≡ before → IsReportOf text query workers budget flags before after r
+  answered : (l : Loaded) → IsLoadedFrom text query l → IsAnswered l workers budget flags before after r → IsReportOf text query workers budget flags before after r
 
 -- the status with which the writing ended
 abbrev pub status_by_writing : Result Status Unwritten → Status

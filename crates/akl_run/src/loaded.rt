@@ -1,13 +1,14 @@
 //! A loaded program with a query.
 
 ghost use Rattle.std.specs.Prelude.{◌≤◌, IfOk, IfErr, length};
+ghost use Rattle.akl_run.specs.Replays.{MayBegin};
 ghost use Rattle.box_tree.specs.Tables.{HasVariables};
-ghost use Rattle.akl_run.specs.Loads.{IsLoadedProgram, IsLoadedQuery, IsOpen, ProgramStops, QueryStops};
+ghost use Rattle.akl_run.specs.Loads.{IsLoadedFrom, IsLoadedProgram, IsLoadedQuery, IsOpen, ProgramStops, QueryStops, TextsStop};
 
 use crate::report::Status;
 use crate::stop::Stop;
 use akl_lift::{lift, lift_query};
-use akl_syntax::{read_program, read_query};
+use akl_syntax::{check_query, read_program, read_query};
 use akl_terms::{Program, Query};
 use clause_checks::{check_clauses, check_goals};
 use clause_store::{load, load_query};
@@ -15,7 +16,7 @@ use std::alloc::Global;
 use variable_scopes::{scoped_clauses, scoped_query};
 
 /// The number of a query's first inline choice, which is above those of all programs.
-const FIRST_ASKED: u32 = 1_000_000;
+pub(crate) const FIRST_ASKED: u32 = 1_000_000;
 
 /// A query over a program that has the terms of both.
 #[derive(Drop)]
@@ -69,4 +70,25 @@ pub fn load_asked(alloc: Global, program: Program, text: &[u8]) -> Result<Loaded
         query,
         first_variable,
     })
+}
+
+/// The query over the program that two texts are.
+pub(crate) fn load_texts(alloc: Global, text: &[u8], query: &[u8]) -> Result<Loaded, Stop>
+    requires { length text.now ≤ 1000001 }
+    ensures loaded { IfOk result (IsLoadedFrom text.now query.now) }
+    ensures begins { IfOk result MayBegin }
+    ensures short { IfOk result (λ _. length query.now ≤ 10000) }
+    ensures stop { IfErr result (λ stop. TextsStop text.now query.now stop.status stop.refusal) }
+{
+    if let Err(error) = check_query(query) {
+        return Err(Stop::text(Status::Query, error));
+    }
+    let program = match load_program(alloc, text) {
+        Ok(program) => program,
+        Err(stop) => return Err(stop),
+    };
+    match load_asked(alloc, program, query) {
+        Ok(loaded) => Ok(loaded),
+        Err(stop) => Err(stop),
+    }
 }

@@ -80,3 +80,12 @@ pub struct Report {
     /// How many bytes were written.
     pub written: u64,
 }
+
+impl Report {
+    /// The labels that were committed, in order.
+    pub fn into_journal(self) -> Vec<Label>
+        ensures { result ≡ self.journal }
+    {
+        self.journal
+    }
+}

@@ -34,8 +34,8 @@ fn work<R: Threads + Wait + Sync, S: Source, G: Gate>(
     evaluate(rt, alloc, prepared, gate)
 }
 
-// The report of a command that ended before there was anything to write.
-fn stopped(alloc: Global, stop: Stop) -> Report
+/// The report of a command that ended before there was anything to write.
+pub(crate) fn stopped(alloc: Global, stop: Stop) -> Report
     ensures { IsStopped stop result }
 {
     let Stop { status, refusal } = stop;
@@ -59,8 +59,8 @@ fn status_of(ended: Result<Status, Unwritten>) -> Status
     }
 }
 
-// Writes the text of a run that has ended, and reports it.
-fn report_of<K: Sink>(alloc: Global, run: Evaluated, sink: &mut K) -> Report
+/// Writes the text of a run that has ended, and reports it.
+pub(crate) fn report_of<K: Sink>(alloc: Global, run: Evaluated, sink: &mut K) -> Report
     requires { HasEnded run }
     ensures { IsWritten run (side (K.written sink.old) (K.faults sink.old)) (side (K.written sink.new) (K.faults sink.new)) result }
 {

@@ -2,7 +2,7 @@
 
 use crate::help::HELP;
 use crate::list::make_runs;
-use crate::load::text_of;
+use crate::reading::text_of;
 use crate::shown::show_asked;
 use crate::streams::{fixed_text, refuse_word, say, show_text};
 use crate::words::{Asked, read_words};

@@ -20,7 +20,7 @@ fn push_equation(scene: &Scene<'_>, page: &mut Page, variable: Var, term: Term) 
 // Adds a line for each variable of the query that has a value, under this frame.
 fn push_query_values(scene: &Scene<'_>, page: &mut Page, depth: usize, frame: Name) {
     let mut index = 0u32;
-    for _ in 0..scene.texts.query.len() {
+    for _ in 0..scene.setting.query_names().len() {
         let variable = Var { frame, index };
         if let Some(term) = scene.bound(variable) {
             page.push_line(depth);

@@ -1,6 +1,5 @@
 //! Goals, boxes and places in the words of the source.
 
-use crate::load::called;
 use crate::origins::Origin;
 use crate::page::Page;
 use crate::scene::Scene;
@@ -14,7 +13,7 @@ const RELATIONS: [&str; 7] = [" is ", " < ", " > ", " =< ", " >= ", " =:= ", " =
 // Adds a goal by which a definition is called: of one that the text names, or of one that was made of a choice in brackets or
 // collects, with where that stands.
 fn push_called(scene: &Scene<'_>, page: &mut Page, goal: &Goal) {
-    let Some(definition) = called(scene.program, goal.code) else {
+    let Some(definition) = scene.setting.called(goal.code) else {
         return page.push("fail");
     };
     let symbol = definition.key.symbol.as_str();

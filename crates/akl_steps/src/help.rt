@@ -3,7 +3,7 @@
 /// What a lone `--help` prints.
 pub const HELP: &str = "\
 Usage: ./akl_steps --query TEXT [--workers N] [--budget N] [--tree] [--trace]
-                   [--from N] [--to N] [--last] < FILE
+                   [--why] [--from N] [--to N] [--last] < FILE
        ./akl_steps --runs < LIST
 
 Runs the query TEXT over the program in FILE as `akl` does, and shows each step in the words of the
@@ -19,6 +19,7 @@ Options:
   --budget N    how many steps the run may make: 1 to 4000000, and 100000 where none is given
   --tree        shows the boxes and goals after each step, as an indented tree
   --trace       begins each step with its line of `akl --trace`
+  --why         shows what each root box of a suspended run waits on, behind the answers
   --from N      shows the steps from this one on; 0 is the query before the first
   --to N        ends with this step, without the answers
   --last        shows only the last step

@@ -1,11 +1,9 @@
 //! The runs of a list.
 
-use crate::load::text_of;
-use crate::page::Page;
-use crate::run::{make_run, push_words};
-use crate::shown::show_asked;
-use crate::streams::{fixed_text, refuse_word, show_last, show_text};
-use crate::words::read_words;
+use crate::reading::text_of;
+use crate::shown::{show_asked, show_run};
+use crate::streams::{fixed_text, refuse_word, show_text};
+use crate::words::read_options;
 use akl_outside::StreamSource;
 use akl_run::Status;
 use std::fs;
@@ -48,46 +46,17 @@ fn text_in(host: &HostRuntime, file: &str) -> Result<Vec<u8>, Status> {
     }
 }
 
-// Makes a run as `akl` makes it by these words over a program, and shows what is printed of it.
-fn show_run<R: Threads + Wait + Sync>(
-    rt: &R,
-    host: &HostRuntime,
-    text: &[u8],
-    words: &[String],
-) -> Status {
-    let mut page = Page::new(host.alloc());
-    let report = make_run(rt, text, words, &mut page);
-    show_last(host, &page, report.status)
-}
-
-// Makes a run by these words over a program, and shows it.
-fn make_run_by<R: Threads + Wait + Sync>(
-    rt: &R,
-    host: &HostRuntime,
-    is_shown: bool,
-    text: &[u8],
-    words: &[String],
-) -> Status {
-    if !is_shown {
-        return show_run(rt, host, text, words);
-    }
-    match read_words(words) {
-        Ok(asked) => show_asked(rt, host, text, &asked),
-        Err(at) => refuse_word(host, at),
-    }
-}
-
-// Makes a run over the program that a text is, and shows it.
+// Makes the run of a line over the program that a text is, and shows it.
 fn make_row<R: Threads + Wait + Sync>(
     rt: &R,
     host: &HostRuntime,
     row: &Row<'_>,
     text: &[u8],
 ) -> Status {
-    let mut words = Vec::new(host.alloc());
-    match push_words(&mut words, row.query, row.options) {
-        Ok(()) => make_run_by(rt, host, row.is_shown, text, &words),
-        Err(_) => Status::NoMemory,
+    match read_options(row.options, row.query) {
+        Ok(asked) if row.is_shown => show_asked(rt, host, text, &asked),
+        Ok(asked) => show_run(rt, host, text, &asked),
+        Err(at) => refuse_word(host, at),
     }
 }
 

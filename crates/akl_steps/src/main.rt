@@ -3,16 +3,14 @@
 //! What it writes is tested. Only that it is safe and ends is proved.
 #![tactic(auto)]
 
-mod candidates;
 mod command;
 mod equations;
 mod goals;
 mod help;
 mod list;
-mod load;
 mod origins;
 mod page;
-mod replay;
+mod reading;
 mod run;
 mod scene;
 mod sentences;
@@ -20,6 +18,7 @@ mod shown;
 mod states;
 mod steps;
 mod streams;
+mod telling;
 mod terms;
 mod tree;
 mod words;

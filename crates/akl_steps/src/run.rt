@@ -1,30 +1,20 @@
 //! A run to its end, as `akl` makes it.
 
 use crate::page::Page;
-use akl_outside::{NoGate, StreamSource};
-use akl_run::{Report, fixed_line, refusal_line, run_akl};
-use std::alloc::AllocError;
+use crate::reading::program_front;
+use crate::words::Asked;
+use akl_model::Label;
+use akl_outside::NoGate;
+use akl_run::{Flags, Report, Status, TextQuery, fixed_line, refusal_line, run_texts};
 use std::sync::Wait;
 use std::thread::Threads;
 
-// Adds a word: a text, and a value behind it.
-fn push_word(words: &mut Vec<String>, text: &str, value: &str) -> Result<(), AllocError> {
-    words.push(format!(in *words.allocator(); "{text}{value}")?)?;
-    Ok(())
-}
-
-// Adds the options that stand in a text with spaces between.
-fn push_options(words: &mut Vec<String>, options: &str) -> Result<(), AllocError> {
-    for option in options.split_whitespace() {
-        push_word(words, option, "")?;
-    }
-    Ok(())
-}
-
-/// Adds the words of a command: a query, and options with spaces between.
-pub fn push_words(words: &mut Vec<String>, query: &str, options: &str) -> Result<(), AllocError> {
-    push_word(words, "--query=", query)?;
-    push_options(words, options)
+/// A run that was made.
+#[derive(Drop)]
+pub struct Made {
+    pub status: Status,
+    /// The labels that were committed, in order.
+    pub journal: Vec<Label>,
 }
 
 // Adds to a page why a run is refused, if it is.
@@ -37,23 +27,30 @@ fn push_refusal(page: &mut Page, report: &Report) {
     }
 }
 
-/// Makes the run of these words over the program that a text is, and adds to a page what `akl` prints of it: its answers and
-/// its outcome, behind its trace where that is asked, or why it is refused.
+/// Makes the run that is asked over the program that a text is, and adds to a page what `akl` prints of it: its answers and
+/// its outcome, behind its trace where `trace` is set, or why it is refused.
 pub fn make_run<R: Threads + Wait + Sync>(
     rt: &R,
     text: &[u8],
-    words: &[String],
+    asked: &Asked<'_>,
+    trace: bool,
     page: &mut Page,
-) -> Report {
-    let alloc = page.alloc();
-    let report = run_akl(
-        rt,
-        alloc,
-        words,
-        &mut StreamSource::new(text),
-        page,
-        &NoGate,
-    );
+) -> Made {
+    let texts = TextQuery {
+        program: program_front(text),
+        query: asked.query.as_bytes(),
+        workers: asked.workers.max(1).min(16),
+        budget: asked.budget,
+        flags: Flags {
+            trace,
+            why: asked.why,
+            model: false,
+        },
+    };
+    let report = run_texts(rt, page.alloc(), texts, page, &NoGate);
     push_refusal(page, &report);
-    report
+    Made {
+        status: report.status,
+        journal: report.into_journal(),
+    }
 }

@@ -1,23 +1,20 @@
 //! What is needed to write of a place in a box.
 
-ghost use Rattle.std.specs.Prelude.{◌≡◌};
-
-use crate::load::Texts;
 use crate::origins::{Origin, Origins};
 use crate::page::Page;
-use akl_terms::{Program, Seen, Term, Var};
+use akl_run::Setting;
+use akl_terms::{Seen, Term, Var};
 use local_store::{Chain, Part, Shared, Store};
 use rational_unify::Lookup;
 
 /// The most bindings that are followed from a variable to its value.
 const MOST_BINDINGS: usize = 100_000;
 
-/// What is needed to write of a place in a box: the program of a run, what has the names of all variables, where all that the
-/// run has made comes from, and what the stores of the box and of those around it say.
+/// What is needed to write of a place in a box: what a run begins with, where all that it has made comes from, and what the stores
+/// of the box and of those around it say.
 #[derive(Clone, Copy)]
 pub struct Scene<'a> {
-    pub program: &'a Program,
-    pub texts: &'a Texts,
+    pub setting: &'a Setting,
     pub origins: &'a Origins,
     /// The stores of the boxes from the root box down to the box itself.
     pub stores: &'a [Shared<Store>],
@@ -28,16 +25,12 @@ pub struct Scene<'a> {
 impl<'a> Scene<'a> {
     /// A place in a box whose stores, from the root box down to its own, are these.
     pub fn new(
-        program: &'a Program,
-        texts: &'a Texts,
+        setting: &'a Setting,
         origins: &'a Origins,
         stores: &'a [Shared<Store>],
-    ) -> Scene<'a>
-        ensures { result.program.now ≡ program.now }
-    {
+    ) -> Scene<'a> {
         Scene {
-            program,
-            texts,
+            setting,
             origins,
             stores,
             added: None,
@@ -47,12 +40,7 @@ impl<'a> Scene<'a> {
     /// The same for the box around.
     pub fn outside(&self) -> Scene<'a> {
         let around = self.stores.len().saturating_sub(1);
-        Scene::new(
-            self.program,
-            self.texts,
-            self.origins,
-            &self.stores[..around],
-        )
+        Scene::new(self.setting, self.origins, &self.stores[..around])
     }
 
     /// The same once something is added to the box's store.
@@ -65,7 +53,7 @@ impl<'a> Scene<'a> {
 
     /// What a variable is bound to by the stores and what is added.
     pub fn bound(&self, variable: Var) -> Option<Term> {
-        match Chain::new(&self.program.templates, self.stores).get(variable) {
+        match Chain::new(&self.setting.program().templates, self.stores).get(variable) {
             Some(term) => Some(term),
             None => self.added?.first_binding(variable),
         }
@@ -81,14 +69,14 @@ impl<'a> Scene<'a> {
             let Some(next) = self.bound(variable) else {
                 return seen;
             };
-            seen = self.program.templates.look(next);
+            seen = self.setting.program().templates.look(next);
         }
         seen
     }
 
     /// The text of a symbol.
     pub fn symbol(&self, number: u32) -> &'a str {
-        let templates = &self.program.templates;
+        let templates = &self.setting.program().templates;
         if number < templates.symbols() {
             templates.symbol(number)
         } else {
@@ -102,10 +90,8 @@ impl<'a> Scene<'a> {
         let Var { frame, index } = variable;
         let origin = self.origins.of(frame);
         let names = match origin {
-            Some(Origin::Query) => &self.texts.query,
-            Some(Origin::Call { call, clause }) => self
-                .texts
-                .names_in(self.program, call.code, clause),
+            Some(Origin::Query) => self.setting.query_names(),
+            Some(Origin::Call { call, clause }) => self.setting.names_in(call.code, clause),
             None => &[],
         };
         match names.get(index as usize) {

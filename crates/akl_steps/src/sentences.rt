@@ -40,7 +40,7 @@ fn push_told(scene: &Scene<'_>, page: &mut Page, goal: &Goal) {
 
 // Adds which two terms of the box clash, where some do.
 fn push_clash(scene: &Scene<'_>, page: &mut Page) {
-    let chain = Chain::new(&scene.program.templates, scene.stores);
+    let chain = Chain::new(&scene.setting.program().templates, scene.stores);
     match consistent(page.alloc(), &chain) {
         Ok(Consistency::Clash { left, right }) => {
             page.push(": ");

@@ -1,12 +1,9 @@
 //! What a place comes to next, or what it waits for.
 
-ghost use Rattle.std.specs.Prelude.{◌≡◌};
-ghost use Rattle.place_steps.specs.Seen.{view_in, IsSeen};
-
 use crate::page::Page;
 use crate::scene::Scene;
 use akl_terms::{Seen, Var};
-use place_steps::{Next, next_of};
+use place_steps::Next;
 use std::collections::BTreeSet;
 
 /// What a place comes to at which a rule applies, in the order of the rules.
@@ -58,15 +55,11 @@ fn push_waits(scene: &Scene<'_>, page: &mut Page, on: &[Var]) {
     push_names(page, &names);
 }
 
-/// Adds what a place that was seen comes to next; what it waits for, where no rule applies there. Nothing is added of a place
-/// that waits for no variable.
-pub fn push_state(scene: &Scene<'_>, page: &mut Page, seen: &place_steps::Seen)
-    requires program { scene.now.program.now ≡ (view_in seen.now).table.program }
-    requires seen { IsSeen seen.now }
-{
-    match next_of(page.alloc(), scene.program, seen, 1) {
-        Ok(Next::Plan(plan)) => page.push(READY[plan.label().rule as usize]),
-        Ok(Next::Idle(idle)) => push_waits(scene, page, idle.on()),
-        Err(_) => page.lack(),
+/// Adds what comes next at a place; what it waits for, where no rule applies there. Nothing is added of a place that waits for no
+/// variable.
+pub fn push_state(scene: &Scene<'_>, page: &mut Page, next: &Next) {
+    match next {
+        Next::Plan(plan) => page.push(READY[plan.label().rule as usize]),
+        Next::Idle(idle) => push_waits(scene, page, idle.on()),
     }
 }

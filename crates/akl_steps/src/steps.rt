@@ -1,14 +1,13 @@
 //! A run that is shown step by step.
 
-ghost use Rattle.std.specs.Prelude.{◌≡◌};
-
 use crate::page::Page;
-use crate::replay::{Replay, make_step};
 use crate::streams::{say, say_page, show_page};
+use crate::telling::Telling;
 use crate::tree::push_tree;
 use crate::words::Asked;
 use akl_model::Label;
-use akl_run::{Status, trace_line};
+use akl_run::{Replay, Status, trace_line};
+use std::alloc::AllocError;
 use std::io::IsTerminal;
 
 /// After so many steps the progress is shown anew.
@@ -38,23 +37,26 @@ fn push_head(page: &mut Page, trace: bool, at: u64, label: &Label) {
 }
 
 // Adds the boxes and goals, where they are asked, and the end of the line.
-fn push_state(page: &mut Page, tree: bool, replay: &Replay<'_>)
-    requires { replay.now.program.now ≡ replay.now.core.table.program }
-{
+fn push_state(telling: &mut Telling<'_>, tree: bool, replay: &Replay<'_>) {
+    let page = &mut telling.page;
     if tree {
-        push_tree(replay, page, 2);
+        push_tree(
+            replay,
+            telling.known.setting,
+            &telling.known.origins,
+            page,
+            2,
+        );
     }
     page.push("\n");
 }
 
 /// Adds the query before its first step, where that is asked.
-pub fn push_start(page: &mut Page, asked: &Asked<'_>, replay: &Replay<'_>)
-    requires { replay.now.program.now ≡ replay.now.core.table.program }
-{
+pub fn push_start(telling: &mut Telling<'_>, asked: &Asked<'_>, replay: &Replay<'_>) {
     if asked.from == 0 && !asked.last {
-        page.push("query: ");
-        page.push(asked.query);
-        push_state(page, asked.tree, replay);
+        telling.page.push("query: ");
+        telling.page.push(asked.query);
+        push_state(telling, asked.tree, replay);
     }
 }
 
@@ -68,25 +70,29 @@ fn is_shown(asked: &Asked<'_>, at: u64, count: u64) -> bool {
 }
 
 // Makes the step of a label that is the one of this number of so many, and adds what is shown of it, if it is shown. Answers
-// whether it could be made.
+// whether it could be made. An `Err` is want of memory.
 fn push_step(
-    page: &mut Page,
+    telling: &mut Telling<'_>,
     asked: &Asked<'_>,
     replay: &mut Replay<'_>,
     at: u64,
     count: u64,
     label: &Label,
-) -> bool
-    requires { replay.old.program.now ≡ replay.old.core.table.program }
-    ensures { replay.new.program.now ≡ replay.new.core.table.program }
-{
-    if !is_shown(asked, at, count) {
-        return make_step(replay, page, false, *label);
+) -> Result<bool, AllocError> {
+    telling.is_shown = is_shown(asked, at, count);
+    if telling.is_shown {
+        push_head(&mut telling.page, asked.trace, at, label);
     }
-    push_head(page, asked.trace, at, label);
-    let is_made = make_step(replay, page, true, *label);
-    push_state(page, asked.tree, replay);
-    is_made
+    let alloc = telling.page.alloc();
+    let is_made = replay.make(alloc, *label, telling)?;
+    if telling.is_shown {
+        push_state(telling, asked.tree, replay);
+    }
+    if telling.known.origins.is_whole() {
+        Ok(is_made)
+    } else {
+        Err(AllocError)
+    }
 }
 
 // Says on a terminal how far it is.
@@ -101,17 +107,15 @@ fn say_progress(host: &HostRuntime, at: u64, count: u64) {
     }
 }
 
-/// Makes the steps of these labels, and shows those that are asked. The page is empty before each. An `Err` is the status of
-/// what kept one from being shown.
+/// Makes the steps of these labels, and shows those that are asked. The page is empty before each. It ends at one that can't be
+/// made again, of which a line on standard error says so. An `Err` is the status of what kept one from being shown.
 pub fn show_steps(
     host: &HostRuntime,
     asked: &Asked<'_>,
     replay: &mut Replay<'_>,
-    page: &mut Page,
+    telling: &mut Telling<'_>,
     labels: &[Label],
-) -> Result<(), Status>
-    requires { replay.old.program.now ≡ replay.old.core.table.program }
-{
+) -> Result<(), Status> {
     let count = labels.len() as u64;
     let mut at: u64 = 0;
     for label in labels {
@@ -119,12 +123,16 @@ pub fn show_steps(
             return Ok(());
         }
         at = at.saturating_add(1);
-        if !push_step(page, asked, replay, at, count, label) {
-            say(host, b"akl_steps: a step couldn't be made again\n");
-            return Err(Status::NoMemory);
+        match push_step(telling, asked, replay, at, count, label) {
+            Ok(true) => {}
+            Ok(false) => {
+                say(host, b"akl_steps: a step couldn't be made again\n");
+                return Ok(());
+            }
+            Err(_) => return Err(Status::NoMemory),
         }
-        show_page(host, page)?;
-        page.clear();
+        show_page(host, &telling.page)?;
+        telling.page.clear();
         if at % STRIDE == 0 {
             say_progress(host, at, count);
         }

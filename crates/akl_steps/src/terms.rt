@@ -84,7 +84,7 @@ fn push_part(scene: &Scene<'_>, page: &mut Page, term: Term, stand: u8, depth: u
         return page.push(if stand == TAIL { "|..]" } else { ".." });
     }
     page.parts = page.parts.saturating_add(1);
-    let seen = scene.follow(scene.program.templates.look(term));
+    let seen = scene.follow(scene.setting.program().templates.look(term));
     let shape = shape_of(scene, seen);
     if stand == TAIL {
         match shape {

@@ -1,19 +1,17 @@
 //! The boxes and goals of a run as an indented tree.
 
-ghost use Rattle.std.specs.Prelude.{◌≡◌, IfSome};
-ghost use Rattle.place_steps.specs.Seen.{view_in, IsSeen};
-
 use crate::equations::{push_told, push_values};
 use crate::goals::{push_at, push_goal, push_ordinal};
-use crate::origins::Origin;
+use crate::origins::{Origin, Origins};
 use crate::page::Page;
-use crate::replay::{Replay, seen_at};
 use crate::scene::Scene;
 use crate::states::push_state;
+use akl_run::{Replay, Setting};
 use akl_terms::{Name, Place};
 use box_tree::{HeldOp, InnerBox, Sight, Table};
-use place_steps::{Seen, first_candidate};
+use place_steps::{Next, Onlooker, Seen};
 use std::alloc::{AllocError, Global};
+use step_commit::Core;
 
 /// A place whose lines are still to be written, so many levels deep.
 #[derive(Clone, Copy)]
@@ -85,32 +83,27 @@ fn push_contents(scene: &Scene<'_>, page: &mut Page, depth: usize, seen: &Seen) 
     }
 }
 
-// Adds the lines of a place that was seen, without those of what stands in it.
-fn push_seen(replay: &Replay<'_>, page: &mut Page, depth: usize, seen: &Seen)
-    requires program { replay.now.program.now ≡ (view_in seen.now).table.program }
-    requires seen { IsSeen seen.now }
-{
-    let view = seen.view();
-    let scene = replay.scene(view.stores());
-    page.push_line(depth);
-    match view.place() {
-        Place::Goal(name) => push_held(&scene, page, name, view.sight()),
-        Place::Box(name) => push_kind(&scene, page, name, replay.core.is_solved(name)),
-    }
-    push_state(&scene, page, seen);
-    push_contents(&scene, page, depth.saturating_add(1), seen);
+/// Adds the lines of each place that it is shown.
+#[derive(Drop)]
+struct Listing<'a> {
+    setting: &'a Setting,
+    origins: &'a Origins,
+    page: &'a mut Page,
+    /// How many levels deep the next place is.
+    depth: usize,
 }
 
-// Adds the lines of a place, without those of what stands in it.
-fn push_entry(replay: &Replay<'_>, page: &mut Page, entry: Entry)
-    requires { replay.now.program.now ≡ replay.now.core.table.program }
-{
-    let Ok(candidate) = first_candidate(page.alloc(), &replay.core, entry.place) else {
-        return page.lack();
-    };
-    match seen_at(page.alloc(), &replay.core, entry.place, 1, candidate) {
-        Some(seen) => push_seen(replay, page, entry.depth, &seen),
-        None => page.lack(),
+impl<'a> Onlooker for Listing<'a> {
+    fn look(&mut self, core: &Core, seen: &Seen, next: &Next) {
+        let view = seen.view();
+        let scene = Scene::new(self.setting, self.origins, view.stores());
+        self.page.push_line(self.depth);
+        match view.place() {
+            Place::Goal(name) => push_held(&scene, self.page, name, view.sight()),
+            Place::Box(name) => push_kind(&scene, self.page, name, core.is_solved(name)),
+        }
+        push_state(&scene, self.page, next);
+        push_contents(&scene, self.page, self.depth.saturating_add(1), seen);
     }
 }
 
@@ -152,16 +145,30 @@ fn leave_inside(
 /// Adds the lines of all boxes and goals of a run, each on a line that is so many levels deep at least: of a box what it was
 /// told, of a choice its operator, of an alternative whether its guard is solved, and of each place which rule applies there,
 /// or which variables it waits for.
-pub fn push_tree(replay: &Replay<'_>, page: &mut Page, depth: usize)
-    requires { replay.now.program.now ≡ replay.now.core.table.program }
-{
-    let mut entries = Vec::new(page.alloc());
-    page.note(leave(&mut entries, depth, replay.core.roots(), true));
+pub fn push_tree(
+    replay: &Replay<'_>,
+    setting: &Setting,
+    origins: &Origins,
+    page: &mut Page,
+    depth: usize,
+) {
+    let alloc = page.alloc();
+    let mut entries = Vec::new(alloc);
+    let mut listing = Listing {
+        setting,
+        origins,
+        page,
+        depth,
+    };
+    let mut done = leave(&mut entries, depth, replay.core().roots(), true);
     for _ in 0..usize::MAX {
+        listing.page.note(done);
         let Some(entry) = entries.pop() else {
             return;
         };
-        push_entry(replay, page, entry);
-        page.note(leave_inside(page.alloc(), replay.core.table(), &mut entries, entry));
+        listing.depth = entry.depth;
+        let shown = replay.show(alloc, entry.place, &mut listing);
+        listing.page.note(shown);
+        done = leave_inside(alloc, replay.core().table(), &mut entries, entry);
     }
 }

@@ -17,6 +17,8 @@ pub struct Asked<'a> {
     pub tree: bool,
     /// Whether each step has its line of a trace.
     pub trace: bool,
+    /// Whether a suspended run shows what it waits on.
+    pub why: bool,
     /// The first step that is shown; 0 is the query before the first.
     pub from: u64,
     /// The last step that is made.
@@ -42,6 +44,7 @@ impl<'a> Asked<'a> {
             budget: BUDGET,
             tree: false,
             trace: false,
+            why: false,
             from: 0,
             to: u64::MAX,
             last: false,
@@ -53,6 +56,7 @@ impl<'a> Asked<'a> {
         match word {
             "--tree" => self.tree = true,
             "--trace" => self.trace = true,
+            "--why" => self.why = true,
             "--last" => self.last = true,
             _ => return false,
         }
@@ -113,6 +117,25 @@ pub fn read_words(words: &[String]) -> Result<Asked<'_>, usize> {
         at = at.saturating_add(1);
     }
     if open.is_some() || asked.query.is_empty() {
+        return Err(at);
+    }
+    Ok(asked)
+}
+
+/// What these options, with spaces between, ask for a query. An `Err` is the number of the option that is refused, from 0; of
+/// one that is missing it is behind the last.
+pub fn read_options<'a>(options: &'a str, query: &'a str) -> Result<Asked<'a>, usize> {
+    let mut asked = Asked::nothing();
+    asked.query = query;
+    let mut open: Option<&str> = None;
+    let mut at = 0usize;
+    for word in options.split_whitespace() {
+        if !asked.take_word(&mut open, word) {
+            return Err(at);
+        }
+        at = at.saturating_add(1);
+    }
+    if open.is_some() {
         return Err(at);
     }
     Ok(asked)

@@ -1,3 +1,5 @@
+//! A lock with a history: workers that take turns each find their own entries, in order, at the places that they had.
+
 ghost use Rattle.std.specs.Prelude.{◌≡◌, ◌+◌, ◌<◌, [], All, length, vec_len, IfOk, OnOk};
 ghost use Rattle.turn_lock.specs.Passes.{view, IsPassOf, HasNoTurn};
 

@@ -16,15 +16,13 @@ use Rattle.akl_terms.specs.declared.name.Place.{Place}
 use Rattle.box_tree.specs.Views.{ViewValue}
 use Rattle.step_commit.specs.Cores.{CoreValue, IsCore, MayCommit, Commits, solved_in}
 use Rattle.scheduler.specs.Settled.{MaySettle}
+use Rattle.place_steps.proofs.Plans.{may_commit_now}
 use Rattle.scheduler.proofs.Fronts as fronts
 use Rattle.scheduler.proofs.Fronts.{front_now}
 use Rattle.core_tests.specs.Waking.{GoesOnTo, IsFoundNow}
 use Rattle.core_tests.specs.Racing.{IsPlanBy}
 
 -- of the core as it is
-pub may_commit_now : (c : CoreValue) (p : PlanValue) → p.table ≡ c.table → p.journal ≡ c.journal → MayCommit c p
-may_commit_now c p table journal = fronts.may_commit c p [] (front_now c p.table p.journal table journal) tt
-
 pub may_commit : (c : CoreValue) (p : PlanValue) → IsFoundNow c (Next.Plan p) → MayCommit c p
 may_commit c p x = may_commit_now c p (x.next.table ∙ x.sight.table) (x.next.journal ∙ x.sight.journal)
 

@@ -13,7 +13,7 @@ use akl_model::{Label, Receipt};
 use akl_run::Loaded;
 use akl_terms::Program;
 use box_tree::Plan;
-use place_steps::{Next, first_candidate, next_of, see};
+use place_steps::{Next, Onlooker, Seen, first_candidate, make_again, next_of, see};
 use std::alloc::{AllocError, Global};
 use std::process::Abort;
 use std::test::Fail;
@@ -50,6 +50,7 @@ p(X) :- X > 3 -> true. p(X) :- X =< 3 -> true. => X = 5, p(X), Y = b => 1 goal 0
 p(X,Y) :- X > 3 -> Y = a. => X = 5, p(X,Y), Y = b => 1 goal 0.2; 2 goal 0.4 | 1 goal 0.3 at once => binding 0.1 changed by 2 / step 1 tell goal 0.2 by 1 / step 2 tell goal 0.4 by 2
 m(a). m(b). j :- m(X) ? true. k :- j ? true. => k, Z = b => 1 goal 0.2; 1 goal 1.2; 1 goal 1.5; 2 goal 0.3 | 1 box 1.3 => at 5, seen 3 / step 1 fork goal 0.2 by 1 / step 2 fork goal 1.2 by 1 / step 3 fork goal 1.5 by 1 / step 4 tell goal 0.3 by 2 / step 5 split box 1.3 of 1.6 by 1
 r(1). s(2). => r(X), s(Y) => 1 goal 0.2 | 2 goal 0.3 => at 2, seen 0 / step 1 fork goal 0.2 by 1 / step 2 fork goal 0.3 by 2
+m(a,Y) :- | true. m(X,b) :- | true. => m(A,B), B = b, A = a => 1 goal 0.2; 1 goal 0.3; 2 goal 0.4 | 1 goal 0.2 => at 4, seen 2 / step 1 fork goal 0.2 by 1 / step 2 tell goal 0.3 by 1 / step 3 tell goal 0.4 by 2 / step 4 cut goal 0.2 of 1.2 by 1
 p :- -> true. p :- q -> true. q :- -> true. => p => 1 goal 0.2; 1 goal 0.2 | 2 goal 1.4 => goal 1.4 is gone / step 1 fork goal 0.2 by 1 / step 2 cut goal 0.2 of 1.0 by 1
 ";
 
@@ -198,7 +199,15 @@ fn begun(alloc: Global, loaded: &Loaded) -> Result<Core, AllocError>
     )
 }
 
-// Workers plan and commit at the places of a journal, one after the other.
+// One who looks at no step.
+#[derive(Drop)]
+struct Unseeing;
+
+impl Onlooker for Unseeing {
+    fn look(&mut self, _core: &Core, _seen: &Seen, _next: &Next) {}
+}
+
+// Makes the labels of a journal again, one after the other.
 fn follow(
     alloc: Global,
     program: &Program,
@@ -209,17 +218,14 @@ fn follow(
     requires { program.now ≡ core.old.table.program }
 {
     for label in journal {
-        let turn = Turn {
-            worker: label.worker,
-            place: label.place,
-            room: 1,
-        };
-        take_turn(alloc, program, core, turn, text)?;
+        if !make_again(alloc, program, core, *label, &mut Unseeing)? {
+            text.push_str("not made")?;
+        }
     }
     Ok(())
 }
 
-// The journal that comes of the places of a journal, after what went wrong.
+// The journal that is made of a journal's labels, after what went wrong.
 fn push_replayed(
     alloc: Global,
     loaded: &Loaded,
@@ -234,7 +240,7 @@ fn push_replayed(
     push_journal(alloc, text, &core.into_journal())
 }
 
-// Whether a journal comes of its own places, label by label, without another worker's plan between.
+// Whether a journal's labels can be made again, without another worker's plan between.
 fn is_replayed(alloc: Global, loaded: &Loaded, journal: &[Label]) -> Result<bool, AllocError>
     requires variables { HasVariables loaded.now.program loaded.now.query loaded.now.first_variable }
     requires shown { HasShownVariables loaded.now.query }

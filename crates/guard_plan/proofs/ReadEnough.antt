@@ -7,7 +7,6 @@ use Rattle.akl_terms.specs.declared.name.Place.{Place}
 use Rattle.constraint_laws.specs.Touched.{IsAmong}
 use Rattle.akl_model.specs.declared.item.Item.{Item}
 use Rattle.akl_model.specs.Config.{IsIn, Content, Held, held_in, site_of}
-use Rattle.akl_model.specs.Wakes.{names_around}
 use Rattle.step_laws.specs.Likeness.{IsOld}
 use Rattle.step_laws.proofs.Whereabouts.{home_in}
 use Rattle.reading_laws.specs.Seen.{ReadsAt, in_root, by_ends, inside}

@@ -1,18 +1,14 @@
 -- Items that are read: the constraints of boxes, their sets of goals, bindings, and items of two lists.
-use Rattle.std.proofs.Common.{◌≡◌, List, [], ◌∷◌, ◌++◌, map, Option, Some, None, refl, sym, ap, subst, ◌⊎◌, inl, inr}
+use Rattle.std.proofs.Common.{◌≡◌, List, [], ◌∷◌, ◌++◌, map, Option, Some, None, refl, ap, ◌⊎◌, inl, inr}
 use Rattle.std.specs.Prelude.{IsSome}
 use Rattle.akl_terms.specs.declared.name.Name.{Name}
 use Rattle.akl_terms.specs.declared.name.Var.{Var}
 use Rattle.constraint_laws.specs.Touched.{IsAmong}
 use Rattle.akl_model.specs.declared.item.Item.{Item}
-use Rattle.akl_model.specs.Config.{IsIn, Held, held_in}
-use Rattle.akl_model.specs.Wakes.{names_down_to}
+use Rattle.akl_model.specs.Config.{IsIn}
 use Rattle.table_laws.specs.Rows.{BoxRow, Table}
 use Rattle.table_laws.specs.Stamped.{store_stamp, goals_stamp, stamp_in}
-use Rattle.box_tree.specs.Tables.{table_of}
-use Rattle.box_tree.specs.Views.{ViewValue, IsViewOf}
 use Rattle.box_tree.specs.Plans.{IsRead}
-use Rattle.guard_plan.proofs.Sites.{goal_there, store_there, stand, found}
 
 -- of two lists
 pub read_left : (is js : List Item) (i : Item) → IsRead is i → IsRead (is ++ js) i

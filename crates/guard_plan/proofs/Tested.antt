@@ -1,11 +1,14 @@
 -- What tests of guards answer.
-use Rattle.std.proofs.Common.{◌≡◌, ℕ, zero, suc, ◌+◌, ◌-◌, ◌<◌, inl, inr, List, [], ◌∷◌, ◌++◌, length, take, Bool, true, false, refl, sym, subst, arith, slice_index_or}
+use Rattle.std.proofs.Common.{◌≡◌, ℕ, zero, suc, ◌+◌, ◌-◌, ◌<◌, inl, inr, List, [], ◌∷◌, ◌++◌, length, take, Bool, true, false, Result, Ok, Err, IfOk, refl, sym, subst, arith, slice_index_or}
 use Rattle.std.specs.Prelude.{IsTrue, ◌↔◌}
 use Rattle.std.specs.List.{AllByRecursion}
 use Rattle.std.proofs.lemmas.Bool.{false≢true}
+use Rattle.akl_terms.specs.declared.name.Name.{Name}
 use Rattle.akl_terms.specs.declared.term.Node.{Node}
 use Rattle.akl_terms.specs.declared.term.Term.{Term}
+use Rattle.akl_terms.specs.Names.{same_name}
 use Rattle.akl_terms.specs.Equal.{told, IsConsistent, IsConsistentBy}
+use Rattle.akl_terms.proofs.SameNames.{same_name-equal}
 use Rattle.akl_terms.proofs.EqualLaws.{IsConsistent-follows, IsTold-left}
 use Rattle.rational_unify.proofs.Taking.{take-next}
 use Rattle.local_store.specs.Stored.{Stored}
@@ -54,6 +57,12 @@ module _ (nodes : List Node) (path : List Stored) where
   has_here [] k d l s q = absurd (omega arith)
   has_here (x ∷ xs) zero d l s q = inl (refl, s, q)
   has_here (x ∷ xs) (suc k) d l s q = inr (has_here xs k d (omega arith) s q)
+
+  -- the same by a name that is its own, as a test answers
+  pub has_named : {E : Type 0} (xs : List Alternative) (k : ℕ) (d : Alternative) → k < length xs → (n : Name) → same_name (slice_index_or xs k d).name n ≡ true → (slice_index_or xs k d).solved ≡ true
+      → (r : Result Bool E) → IfOk r (λ holds. IsTrue holds ↔ IsQuietInside nodes (path ++ (slice_index_or xs k d).store ∷ [])) → IfOk r (λ quiet. IsTrue quiet → HasQuiet nodes path xs n)
+  has_named xs k d l n same s (Ok holds) h = λ t. subst (HasQuiet nodes path xs) (same_name-equal _ n same) (has_here xs k d l s (h.0 t))
+  has_named xs k d l n same s (Err e) h = tt
 
   pub all_index : (P : Alternative → Type 0) (xs : List Alternative) (k : ℕ) (d : Alternative) → k < length xs → AllByRecursion P xs → P (slice_index_or xs k d)
   all_index P [] k d l h = absurd (omega arith)

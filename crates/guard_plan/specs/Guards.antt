@@ -1,5 +1,5 @@
 -- What is tested of alternatives, by the stores down to them.
-use Rattle.std.specs.Prelude.{◌≡◌, ℕ, ◌+◌, ◌-◌, List, [], ◌∷◌, ◌++◌, length, take, ◌⊎◌, true, ⊤}
+use Rattle.std.specs.Prelude.{◌≡◌, ℕ, ◌+◌, ◌-◌, List, [], ◌∷◌, ◌++◌, length, take, ◌⊎◌, ◌≢◌, true, ⊤}
 use Rattle.std.specs.List.{AllByRecursion}
 use Rattle.akl_terms.specs.declared.name.Name.{Name}
 use Rattle.akl_terms.specs.declared.term.Node.{Node}
@@ -10,6 +10,8 @@ use Rattle.local_store.specs.Chained.{ToldBy, IsKnown, around}
 use Rattle.entail_test.specs.Asked.{KeepsApartAt, IsQuietAt}
 use Rattle.box_tree.specs.declared.entries.HeldOp.{HeldOp}
 use Rattle.box_tree.specs.declared.view.Alternative.{Alternative}
+use Rattle.box_tree.specs.declared.view.Sight.{Sight}
+use Rattle.box_tree.specs.Views.{ViewValue}
 
 -- the innermost store is quiet under the others
 abbrev pub IsQuietInside : List Node → List Stored → Type 0
@@ -65,6 +67,13 @@ cutting HeldOp.Condition alternatives = take (length alternatives - 1) alternati
 cutting HeldOp.Commit alternatives = alternatives
 cutting HeldOp.Choice alternatives = []
 cutting (HeldOp.Collect t) alternatives = []
+
+-- an alternative of this name of the choice at the place of a view is solved and quiet, and leaves fewer than there are
+pub record CutsOthers (v : ViewValue) (n : Name) : Type 0 where
+  pub op : HeldOp
+  pub is_choice : v.sight ≡ Sight.Choice op
+  pub not_one : length v.alternatives ≢ 1
+  pub quiet : HasQuiet v.table.program.templates.nodes v.stores (cutting op v.alternatives) n
 
 -- goals under a worker's names from a number on
 abbrev pub numbered_goals : ℕ → ℕ → List Goal → List (Name × Goal)

@@ -96,6 +96,29 @@ pub(crate) fn first_quiet(
     Ok(None)
 }
 
+// Whether one of these alternatives has this name, is solved, and is quiet under the stores of a path.
+pub(crate) fn has_quiet(
+    alloc: Global,
+    templates: &Templates,
+    path: &[Shared<Store>],
+    candidates: &[Alternative],
+    name: Name,
+) -> Result<bool, AllocError>
+    requires testable { AllByRecursion (IsTestable templates.now.nodes path.now) candidates.now }
+    ensures { IfOk result (λ quiet. IsTrue quiet → HasQuiet templates.now.nodes path.now candidates.now name) }
+{
+    for candidate in candidates {
+        if candidate.name == name {
+            if candidate.solved {
+                let mut stores = shared(alloc, path)?;
+                let mut noise = Vec::new(alloc);
+                return is_quiet_over(alloc, templates, &mut stores, candidate, &mut noise);
+            }
+        }
+    }
+    Ok(false)
+}
+
 // Whether an alternative is quiet under the stores of a path, which stay. What it touches otherwise comes to the end of
 // the noise.
 fn is_quiet_over(

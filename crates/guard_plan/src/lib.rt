@@ -12,6 +12,7 @@ mod planning;
 mod promoting;
 mod reading;
 
+pub use cutting::plan_cut;
 pub use guards::{Noise, quietness, shared};
 pub use joining::told_inside;
 pub use labels::{label_for, label_of};

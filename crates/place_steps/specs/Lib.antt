@@ -1,2 +1,3 @@
 pub mod Seen
 pub mod Next
+pub mod Again

@@ -10,7 +10,7 @@ use Rattle.akl_lift.specs.Lifting.{query_without, made_of_query}
 use Rattle.akl_lift.proofs.Asked.{query_paid, query_unmixed}
 use Rattle.akl_run.specs.Loads.{first_asked, IsQueryText, QueryStops, no_memory}
 use Rattle.akl_run.proofs.Loading.{stops_as, from_error, query_text_stops, query_loading_stops}
-use Rattle.akl_run.proofs.Texts.{as_query, query_small, query_whole, query_numbered}
+use Rattle.akl_run.proofs.ReadTexts.{as_query, query_small, query_whole, query_numbered}
 use Rattle.akl_run.proofs.Lifted.{asked_loads, asked_alone, asked_few, has_variables, asked_new}
 use Rattle.akl_run.proofs.loaded.load_asked.Goals as goal
 

@@ -8,7 +8,7 @@ use Rattle.akl_lift.specs.Lifting.{lifted_clauses}
 use Rattle.clause_store.specs.Loaded.{IsProgramOf}
 use Rattle.akl_run.specs.Loads.{ProgramStops, no_memory}
 use Rattle.akl_run.proofs.Loading.{stops_as, from_error, program_text_stops, program_loading_stops, counted_clauses}
-use Rattle.akl_run.proofs.Texts.{as_program, program_small}
+use Rattle.akl_run.proofs.ReadTexts.{as_program, program_small}
 use Rattle.akl_run.proofs.Lifted.{lifted_load, lifted_unmixed, lifted_alone, lifted_small, program_numbers}
 use Rattle.akl_run.proofs.loaded.load_program.Goals as goal
 

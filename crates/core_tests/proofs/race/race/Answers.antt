@@ -1,7 +1,8 @@
 use Rattle.std.proofs.Common.{IfSome, Option, sym, subst, ◌∙◌, arith}
 use Rattle.box_tree.specs.Plans.{PlanValue}
 use Rattle.core_tests.specs.Racing.{IsPlanBy}
-use Rattle.core_tests.proofs.Concluding.{may_commit_now, may_commit_second}
+use Rattle.place_steps.proofs.Plans.{may_commit_now}
+use Rattle.core_tests.proofs.Concluding.{may_commit_second}
 use Rattle.core_tests.proofs.race.race.Goals as goal
 
 pub commit-requires : goal.commit-requires

@@ -1,7 +1,7 @@
 use Rattle.std.proofs.Common.{IfSome, Option, subst}
 use Rattle.box_tree.specs.Plans.{PlanValue}
 use Rattle.core_tests.specs.Racing.{IsPlanBy}
-use Rattle.core_tests.proofs.Concluding.{may_commit_now}
+use Rattle.place_steps.proofs.Plans.{may_commit_now}
 use Rattle.core_tests.proofs.race.take_turn.Goals as goal
 
 pub commit-requires : goal.commit-requires

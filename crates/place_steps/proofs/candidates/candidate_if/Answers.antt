@@ -4,8 +4,8 @@ use Rattle.akl_terms.specs.declared.name.Name.{Name}
 use Rattle.akl_model.specs.Config.{IsIn}
 use Rattle.box_tree.specs.Tables.{TableValue, table_of}
 use Rattle.box_tree.specs.Insides.{candidate_at}
-use Rattle.akl_steps.proofs.Among.{in_at}
-use Rattle.akl_steps.proofs.candidates.candidate_if.Goals as goal
+use Rattle.place_steps.proofs.Among.{in_at}
+use Rattle.place_steps.proofs.candidates.candidate_if.Goals as goal
 
 pub returns-then-eq : goal.returns-then-eq
 returns-then-eq c =

@@ -1,6 +1,6 @@
 use Rattle.std.proofs.Common.{◌≡◌}
 use Rattle.box_tree.specs.Tables.{table_of, goals_in}
-use Rattle.akl_steps.proofs.candidates.candidate_if.Given as goal
+use Rattle.place_steps.proofs.candidates.candidate_if.Given as goal
 
 -- the goals are those of the box
 abbrev pub invariant-loop-goal : goal.invariant-loop-goal
